@@ -64,6 +64,7 @@ fn put_scalars(
 }
 
 /// Puts the one value of an attribute on an object, for which no list is made, if it is of the attribute's type.
+#[inline(always)]
 #[tactic(auto, unfolding(crate::specs::Loading::put_values))]
 fn put_scalar(
     builder: &mut PopulationBuilder<'_>,

@@ -1,10 +1,11 @@
 //! The first pass over a delivery's tokens: its outline is checked, and all objects are added.
 
-ghost use Rattle.std.specs.Prelude.{◌≡◌, [], ◌∷◌, ℕ, List, Some, Ok, codes, IfOk};
+ghost use Rattle.std.specs.Prelude.{◌≡◌, ◌<◌, [], ◌∷◌, ℕ, true, List, Some, Ok, codes, length, IfOk, IfSome};
 ghost use Rattle.json.specs.Token.{Token};
 ghost use Rattle.serde_json.specs.Data.{Data, Items, Members, no_members};
 ghost use Rattle.serde_json.specs.Read.{read};
 ghost use Rattle.token_tree.specs.Tokens.{data_at, items_at, members_at};
+ghost use Rattle.imkl_model.specs.ClassModel.{class_number};
 ghost use Rattle.imkl_population.specs.Building.{KeepsModel};
 ghost use Rattle.imkl_delivery.specs.Straight.{IsObject, AreFound, TakesMember, HasHead, IsHead, AreAdded};
 ghost use Rattle.imkl_delivery.specs.Loading.{empty, add_entry};
@@ -13,7 +14,7 @@ ghost use Rattle.imkl_delivery.specs.Taken.{added_from};
 
 use crate::detour::Detour;
 use crate::tokens::{closes, opens, opens_object, skip_members, string};
-use imkl_model::ClassModel;
+use imkl_model::{ClassModel, ClassNo};
 use imkl_population::{PopulationBuilder, PopulationFault};
 use json::{Reader, Scratch};
 use std::alloc::Global;
@@ -159,17 +160,42 @@ fn take_entry<'a>(reader: &mut Reader<'a>) -> Result<Head<'a>, Detour>
     Ok(head)
 }
 
-/// Adds the object of an entry.
+/// Whether a class has a name.
+fn is_class(model: &ClassModel, class: ClassNo, name: &str) -> bool
+    ensures number { result ≡ true → class_number model.now name.now ≡ Some class }
+    ensures in_range { result ≡ true → class < length model.now.classes }
+{
+    model.well_formed();
+    class.index() < model.class_count() && model.class_name(class) == name
+}
+
+/// The class of a name. Where the guess is right, nothing is searched.
+fn class_of(model: &ClassModel, guess: ClassNo, name: &str) -> Option<ClassNo>
+    ensures number { result ≡ class_number model.now name.now }
+    ensures in_range { IfSome result (λ c. c < length model.now.classes) }
+{
+    if is_class(model, guess, name) {
+        return Some(guess);
+    }
+    model.class(name)
+}
+
+/// Adds the object of an entry, whose class is guessed.
 #[tactic(auto, unfolding(crate::specs::Loading::add_entry))]
-fn add(builder: &mut PopulationBuilder<'_>, head: Head<'_>) -> Result<(), Detour>
+fn add(
+    builder: &mut PopulationBuilder<'_>,
+    head: Head<'_>,
+    guess: &mut ClassNo,
+) -> Result<(), Detour>
     ensures added { IfOk result (λ x. (o : ℕ) (w : Written) →
         w.id ≡ head.entry.id.now → w.class ≡ head.entry.class.now →
         add_entry o w builder.old ≡ Ok builder.new) }
     ensures model { KeepsModel builder.old builder.new }
 {
-    let Some(class) = builder.model().class(head.class) else {
+    let Some(class) = class_of(builder.model(), *guess, head.class) else {
         return Err(Detour::ByTree);
     };
+    *guess = class;
     match builder.add_object(head.id, class) {
         Ok(_) => Ok(()),
         Err(PopulationFault::OutOfMemory) => Err(Detour::OutOfMemory),
@@ -177,19 +203,21 @@ fn add(builder: &mut PopulationBuilder<'_>, head: Head<'_>) -> Result<(), Detour
     }
 }
 
-/// Adds the objects of all entries up to the end of their list.
+/// Adds the objects of all entries up to the end of their list. Deliveries often list objects of one class one after the
+/// other, so each is guessed to be of the last one's class.
 fn add_all(builder: &mut PopulationBuilder<'_>, reader: &mut Reader<'_>) -> Result<(), Detour>
     ensures added { IfOk result (λ x. (all : Items) (r : List Token) →
         items_at 125 reader.old ≡ Some (all, r) →
         (r ≡ reader.new) × AreAdded all builder.old builder.new) }
     ensures model { KeepsModel builder.old builder.new }
 {
+    let mut guess = ClassNo::new(0);
     for place in 0..usize::MAX {
         if reader.take_end_array() {
             return Ok(());
         }
         let head = take_entry(reader)?;
-        add(builder, head)?;
+        add(builder, head, &mut guess)?;
     }
     Err(Detour::ByTree)
 }
