@@ -16,6 +16,7 @@ pub mod Adding
 pub mod IdIndex
 pub mod Given
 pub mod Owners
+pub mod Answered
 pub mod Ends
 pub mod Store
 pub mod Layout

@@ -1,6 +1,7 @@
 //! Populations: objects of a class model with their values and links.
 #![tactic(auto)]
 
+mod answers;
 mod builder;
 mod checks;
 mod column;

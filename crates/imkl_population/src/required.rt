@@ -4,6 +4,7 @@ ghost use Rattle.std.specs.Prelude.{◌≡◌, ◌<◌, ◌++◌, ◌==◌, ◌&
 ghost use Rattle.imkl_population.specs.Required.{is_on, required, with_required};
 ghost use Rattle.imkl_population.specs.Owners.{is_needed, inherited, AreListedByOwner, AreListedIfAny};
 
+use crate::answers::Answers;
 use crate::order::in_order;
 use imkl_model::{ClassModel, ClassNo, FeatureInfo, FeatureNo, Role};
 use std::alloc::{AllocError, Global};
@@ -55,7 +56,8 @@ impl FeatureList {
 }
 
 /// For each class of a model the features on one side that have a lower bound above zero. A class's are listed when it
-/// is first asked for, and what each class itself owns is listed when the first class is.
+/// is first asked for, and what each class itself owns is listed when the first class is. What was last asked of a class
+/// is kept, since deliveries have many objects of one class with the same features.
 #[derive(Drop)]
 pub struct RequiredFeatures<'m> {
     alloc: Global,
@@ -63,6 +65,7 @@ pub struct RequiredFeatures<'m> {
     side: Side,
     owned: Vec<FeatureList>,
     lists: BTreeMap<usize, FeatureList>,
+    answers: Answers,
 }
 
 impl<'m> Model for RequiredFeatures<'m> {
@@ -70,6 +73,7 @@ impl<'m> Model for RequiredFeatures<'m> {
     ghost use Rattle.std.specs.Ordering.{nat_cmp};
     ghost use Rattle.imkl_population.specs.Required.{Requirements};
     ghost use Rattle.imkl_population.specs.Owners.{AreRequired, AreListedIfAny};
+    ghost use Rattle.imkl_population.specs.Answered.{AreAnswers};
 
     ghost Value = { Requirements };
 
@@ -77,7 +81,8 @@ impl<'m> Model for RequiredFeatures<'m> {
 
     ghost invariant = { λ r.
         AreRequired (record { model = r.model.now; side = r.side }) (get nat_cmp r.lists) ×
-        AreListedIfAny (record { model = r.model.now; side = r.side }) r.owned.items };
+        AreListedIfAny (record { model = r.model.now; side = r.side }) r.owned.items ×
+        AreAnswers (record { model = r.model.now; side = r.side }) r.answers };
 }
 
 fn is_on(side: Side, role: Role) -> bool
@@ -191,6 +196,7 @@ impl<'m> RequiredFeatures<'m> {
             side,
             owned: Vec::new(alloc),
             lists: BTreeMap::new(alloc),
+            answers: Answers::new(alloc),
         }
     }
 
@@ -240,6 +246,29 @@ impl<'m> RequiredFeatures<'m> {
         Ok(())
     }
 
+    /// Some features and those that a class requires, each once, in the model's order. That is kept for the next time.
+    fn find_required(
+        &mut self,
+        class: ClassNo,
+        features: Vec<FeatureNo>,
+    ) -> Result<Vec<FeatureNo>, AllocError>
+        requires class { class < length self.old.model.classes }
+        requires features { All (λ f. f < length self.old.model.features) features.items }
+        ensures list { IfOk result (λ v. v.items ≡ with_required self.old class features.items) }
+        ensures known { IfOk result (λ v. All (λ f. f < length self.old.model.features) v.items) }
+        ensures same { self.new ≡ self.old }
+    {
+        let classes = self.model.class_count();
+        let named = self
+            .answers
+            .list_named(self.alloc, classes, class, &features)?;
+        let mut features = features;
+        self.add_required(class, &mut features)?;
+        let all = in_order(features);
+        self.answers.keep(class, named, &all)?;
+        Ok(all)
+    }
+
     /// Some features and those that a class requires, each once, in the model's order. An error means that memory ran
     /// out.
     pub fn with_required(
@@ -253,8 +282,12 @@ impl<'m> RequiredFeatures<'m> {
         ensures known { IfOk result (λ v. All (λ f. f < length self.old.model.features) v.items) }
         ensures same { self.new ≡ self.old }
     {
+        let Some(all) = self.answers.of(class, &features) else {
+            return self.find_required(class, features);
+        };
         let mut features = features;
-        self.add_required(class, &mut features)?;
-        Ok(in_order(features))
+        features.clear();
+        features.extend_from_slice(all)?;
+        Ok(features)
     }
 }

@@ -5,10 +5,10 @@ use Rattle.imkl_population.proofs.Owners.{inherited-required}
 use Rattle.imkl_population.proofs.required.RequiredFeatures.list_required.Goals as goal
 
 pub invariant_of-self-in_err-features : goal.invariant_of-self-in_err-features
-invariant_of-self-in_err-features c = (c.self.invariant.0, inr c.in_ok-fill_owned.ensures.filled)
+invariant_of-self-in_err-features c = (c.self.invariant.0, inr c.in_ok-fill_owned.ensures.filled, c.self.invariant.2)
 
 pub invariant_of-self-2 : goal.invariant_of-self-2
-invariant_of-self-2 c = (c.self.invariant.0, inr c.in_ok-fill_owned.ensures.filled)
+invariant_of-self-2 c = (c.self.invariant.0, inr c.in_ok-fill_owned.ensures.filled, c.self.invariant.2)
 
 pub returns-clause-list : goal.returns-clause-list
 returns-clause-list c =
