@@ -310,6 +310,7 @@ fn is_feature(model: &ClassModel, class: ClassNo, feature: FeatureNo, name: &str
 }
 
 /// A guess of the feature that a class has of a name, if it is right.
+#[inline(always)]
 fn right_guess(
     model: &ClassModel,
     class: ClassNo,

@@ -6,7 +6,6 @@ ghost use Rattle.imkl_delivery.specs.Scalars.{is_absent};
 ghost use Rattle.imkl_delivery.specs.Pending.{pending_view};
 
 use crate::detour::Detour;
-use crate::tokens::next;
 use json::{Reader, Token};
 use serde_json::Value;
 use std::alloc::Global;
@@ -45,9 +44,11 @@ pub(crate) fn read_pending<'a>(
 ) -> Result<Pending<'a>, Detour>
     ensures { IfOk result (λ p. data_at 123 reader.old ≡ Some (pending_view p, reader.new)) }
 {
-    match next(reader)? {
-        Token::Null => Ok(Pending::Nothing),
-        Token::BeginArray => Ok(Pending::Many(singles_of(alloc, reader)?)),
-        token => Ok(Pending::One(single_of(token)?)),
+    match reader.next() {
+        None => Err(Detour::ByTree),
+        Some(Token::String(text)) => Ok(Pending::One(Single::Text(text))),
+        Some(Token::Null) => Ok(Pending::Nothing),
+        Some(Token::BeginArray) => Ok(Pending::Many(singles_of(alloc, reader)?)),
+        Some(token) => Ok(Pending::One(single_of(token)?)),
     }
 }

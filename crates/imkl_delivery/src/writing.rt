@@ -78,10 +78,13 @@ fn keep_last<'a>(
         All (λ f. f < n) named.old.items → All (λ f. f < n) named.new.items) }
     ensures room { length pending.new ≡ length pending.old }
 {
-    if pending[feature.index()].is_none() {
-        named.push(feature)?;
+    let place = &mut pending[feature.index()];
+    if place.is_some() {
+        *place = Some(value);
+        return Ok(());
     }
-    pending[feature.index()] = Some(value);
+    *place = Some(value);
+    named.push(feature)?;
     Ok(())
 }
 
