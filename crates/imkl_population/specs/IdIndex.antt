@@ -20,8 +20,8 @@ abbrev pub group_size : ℕ → ℕ
 group_size n = if n / GROUP == 0 then 0 else GROUP
 
 -- the first slot of an id's group, of so many
-unfoldable pub first_of : List ℕ → ℕ → ℕ
-first_of id n = if n / GROUP == 0 then 0 else (hash_of id % (n / GROUP)) * GROUP
+unfoldable pub group_start : List ℕ → ℕ → ℕ
+group_start id n = if n / GROUP == 0 then 0 else (hash_of id % (n / GROUP)) * GROUP
 
 -- whether an object is there and has an id
 abbrev pub has_id : List Head → ℕ → List ℕ → Bool
@@ -30,22 +30,22 @@ has_id (h ∷ hs) zero id = bytes_eq h.id id
 has_id (h ∷ hs) (suc n) id = has_id hs n id
 
 -- what a mark, and a number above an object's, say of an id: its object, if that has the id
-abbrev pub told_by : ℕ → ℕ → List Head → List ℕ → Option ℕ
-told_by m zero hs id = None
-told_by m (suc n) hs id = if (m == mark_of id) && has_id hs n id then Some n else None
+abbrev pub told_by_mark : ℕ → ℕ → List Head → List ℕ → Option ℕ
+told_by_mark m zero hs id = None
+told_by_mark m (suc n) hs id = if (m == mark_of id) && has_id hs n id then Some n else None
 
 -- what a slot says of an id
 abbrev pub told : ℕ → List Head → List ℕ → Option ℕ
-told w hs id = told_by (w / NUMBERS) (w % NUMBERS) hs id
+told w hs id = told_by_mark (w / NUMBERS) (w % NUMBERS) hs id
 
 -- what so many slots say of an id, from one on; where they say nothing, what the others say
-abbrev pub said : ℕ → ℕ → List ℕ → (List ℕ → Option ℕ) → List Head → List ℕ → Option ℕ
-said zero a slots others hs id = others id
-said (suc k) a slots others hs id = option_or (told (slice_index_or slots a 0) hs id) (said k (a + 1) slots others hs id)
+abbrev pub told_from : ℕ → ℕ → List ℕ → (List ℕ → Option ℕ) → List Head → List ℕ → Option ℕ
+told_from zero a slots others hs id = others id
+told_from (suc k) a slots others hs id = option_or (told (slice_index_or slots a 0) hs id) (told_from k (a + 1) slots others hs id)
 
 -- the number found for an id, among objects with these ids
 abbrev pub number_found : List ℕ → (List ℕ → Option ℕ) → List Head → List ℕ → Option ℕ
-number_found slots others hs id = said (group_size (length slots)) (first_of id (length slots)) slots others hs id
+number_found slots others hs id = told_from (group_size (length slots)) (group_start id (length slots)) slots others hs id
 
 -- a slot says nothing
 abbrev pub IsEmpty : List ℕ → ℕ → Type 0
@@ -53,7 +53,7 @@ IsEmpty slots i = slice_index_or slots i 0 % NUMBERS ≡ 0
 
 -- a slot is one of an id's group
 abbrev pub IsOfGroup : List ℕ → List ℕ → ℕ → Type 0
-IsOfGroup slots id i = (first_of id (length slots) ≤ i) × (i < first_of id (length slots) + group_size (length slots))
+IsOfGroup slots id i = (group_start id (length slots) ≤ i) × (i < group_start id (length slots) + group_size (length slots))
 
 -- behind an empty slot those of the same group are empty
 abbrev pub IsFilled : List ℕ → Type 0
@@ -68,7 +68,7 @@ pub record IsFirstEmpty (slots : List ℕ) (id : List ℕ) (i : ℕ) : Type 0 wh
   pub there : i < length slots
   pub mine : IsOfGroup slots id i
   pub empty : IsEmpty slots i
-  pub first : (j : ℕ) → first_of id (length slots) ≤ j → j < i → IsEmpty slots j → ⊥
+  pub first : (j : ℕ) → group_start id (length slots) ≤ j → j < i → IsEmpty slots j → ⊥
 
 -- an id's first empty slot is given to the next object's number
 pub record TakesSlot (old : List ℕ) (id : List ℕ) (n : ℕ) (new : List ℕ) : Type 0 where

@@ -440,6 +440,7 @@ impl<'m> PopulationBuilder<'m> {
 
     /// Sets the single value of an attribute, as `set_value` does with a list of it alone, but
     /// without one. All its faults come before anything is allocated; refused, it changes nothing.
+    #[inline(always)]
     pub fn set_one(
         &mut self,
         object: ObjectNo,

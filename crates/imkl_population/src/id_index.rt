@@ -5,7 +5,7 @@ ghost use Rattle.std.specs.Map.{update};
 ghost use Rattle.std.specs.BTreeMap.{get_by_text};
 ghost use Rattle.imkl_population.specs.declared.object.Head.{Head};
 ghost use Rattle.imkl_population.specs.declared.limits.TheConstants.{MAX_OBJECTS};
-ghost use Rattle.imkl_population.specs.IdIndex.{hash_of, mark_of, first_of, group_size, has_id, number_found, IsFilled, IsGuarded, IsFirstEmpty, TakesSlot, IsOccupied, AddsId};
+ghost use Rattle.imkl_population.specs.IdIndex.{hash_of, mark_of, group_start, group_size, has_id, number_found, IsFilled, IsGuarded, IsFirstEmpty, TakesSlot, IsOccupied, AddsId};
 
 use crate::limits::{GROUP, NUMBERS};
 use crate::object::Head;
@@ -47,8 +47,8 @@ impl<'i> HashedId<'i> {
 
     /// Its group, of so many slots: from one to before another. Fewer than a group has are none.
     fn group(self, slots: usize) -> (usize, usize)
-        ensures first { result.0 ≡ first_of self.entry.text.now slots }
-        ensures end { result.1 ≡ first_of self.entry.text.now slots + group_size slots }
+        ensures first { result.0 ≡ group_start self.entry.text.now slots }
+        ensures end { result.1 ≡ group_start self.entry.text.now slots + group_size slots }
         ensures known { result.1 ≤ slots }
     {
         let groups = slots / GROUP;

@@ -1,6 +1,6 @@
 use Rattle.std.proofs.Common.{◌∙◌, ◌+◌, sym, ap, ℕ, arith}
 use Rattle.std.specs.BTreeMap.{get_by_text}
-use Rattle.imkl_population.specs.IdIndex.{first_of, group_size}
+use Rattle.imkl_population.specs.IdIndex.{group_start, group_size}
 use Rattle.imkl_population.proofs.IdIndex.{found-at_empty, found-at, found-behind}
 use Rattle.imkl_population.proofs.id_index.IdIndex.find.Goals as goal
 use Rattle.imkl_population.proofs.id_index.IdIndex.find.Goals.{else-held-mark-via-then-held-mark+else-has_id, else-held-mark-via-else-held-mark}
@@ -9,8 +9,8 @@ pub returns-in_err-number : goal.returns-in_err-number
 returns-in_err-number c =
     let s = c.args.self.now in
     let id = c.args.id.text.now in
-    let from = c.group-first.ensures.first ∙ ap (first_of id) (c.len.ensures ∙ s.slots.ok.0) in
-    let end = c.group-first.ensures.end ∙ ap (λ (n : ℕ). first_of id n + group_size n) (c.len.ensures ∙ s.slots.ok.0) in
+    let from = c.group-first.ensures.first ∙ ap (group_start id) (c.len.ensures ∙ s.slots.ok.0) in
+    let end = c.group-first.ensures.end ∙ ap (λ (n : ℕ). group_start id n + group_size n) (c.len.ensures ∙ s.slots.ok.0) in
     c.from_residual.ensures
     ∙ sym (
     c.loop-slot.invariant
